@@ -110,7 +110,7 @@ read_so a work words t read raw ground (Err x) h = tt
 pub reduced_by : (a : Accepted) (options : Options) (w t : RawTerm) (b : Budget) (d : Deduction) (o : Outcome) (text : List ℕ)
     → t ≡ normal_form a.module.signature w → b ≡ record { steps = options.max; side = options.max; nest = 63 } → IsReductionOf a.module t b d o → IsDeduction d
     → (S : Sorted) → IsLeastSort a.module.signature (nested a.module.signature d.to) S → (word : Word) → word ≡ word_of reduced o
-    → (proof : List ℕ) → IsProofWritten options.proof d a.name proof → text ≡ noted options.proof (block (codes "reduce") a.module.signature a.name d.from (min (count d.proof) (2 ^ 64 - 1)) S d.to word) ++ proof → IsReduced a options w text
+    → (proof : List ℕ) → IsProofWritten options.proof d a.name proof → text ≡ noted options.proof (block options.brief (codes "reduce") a.module.signature a.name d.from (min (count d.proof) (2 ^ 64 - 1)) S d.to word) ++ proof → IsReduced a options w text
 reduced_by a options w t b d o text canonical is r proved S least word so proof proof_is written =
     let sig : Signature = a.module.signature in
     record {
@@ -132,7 +132,7 @@ reduced_by a options w t b d o text canonical is r proved S least word so proof 
 pub rewritten_by : (a : Accepted) (bound : Option ℕ) (options : Options) (w t : RawTerm) (b : Bounds) (d : Deduction) (o : Outcome) (text : List ℕ)
     → t ≡ normal_form a.module.signature w → b ≡ record { rules = bound; steps = options.max; side = options.max } → IsRewritingOf a.module t b d o → IsDeduction d
     → (S : Sorted) → IsLeastSort a.module.signature (nested a.module.signature d.to) S → (word : Word) → word ≡ word_of final o
-    → (proof : List ℕ) → IsProofWritten options.proof d a.name proof → text ≡ noted options.proof (block (command_text (codes "rewrite") bound) a.module.signature a.name d.from (min (count d.proof) (2 ^ 64 - 1)) S d.to word) ++ proof → IsRewritten a bound options w text
+    → (proof : List ℕ) → IsProofWritten options.proof d a.name proof → text ≡ noted options.proof (block options.brief (command_text (codes "rewrite") bound) a.module.signature a.name d.from (min (count d.proof) (2 ^ 64 - 1)) S d.to word) ++ proof → IsRewritten a bound options w text
 rewritten_by a bound options w t b d o text canonical is r proved S least word so proof proof_is written =
     let sig : Signature = a.module.signature in
     record {
@@ -168,10 +168,10 @@ parsed_by a proofs M m sig s name n w t canonical S text least written = record 
 }
 
 -- and that of a kept deduction
-pub block_by : (a : Accepted) (M : Module) → M ≡ a.module → (sig : Signature) → sig ≡ M.signature → (name : List ℕ) → name ≡ a.name → (command : List ℕ) (S : Sorted) (word : Word)
+pub block_by : (a : Accepted) (M : Module) → M ≡ a.module → (sig : Signature) → sig ≡ M.signature → (name : List ℕ) → name ≡ a.name → (brief : Bool) (command : List ℕ) (S : Sorted) (word : Word)
     (text : List ℕ) (from t : RawTerm) → from ≡ t → (count n : ℕ) → count ≡ n → (to u : RawTerm) → to ≡ u
-    → text ≡ block command sig name from count S to word → text ≡ block command a.module.signature a.name t n S u word
-block_by a M m sig s name named command S word text from t f count n c to u e written =
-    written ∙ ap (λ x. block command x name from count S to word) (s ∙ ap (λ (N : Module). N.signature) m)
-    ∙ ap (λ x. block command a.module.signature x from count S to word) named ∙ ap (λ x. block command a.module.signature a.name x count S to word) f
-    ∙ ap (λ x. block command a.module.signature a.name t x S to word) c ∙ ap (λ x. block command a.module.signature a.name t n S x word) e
+    → text ≡ block brief command sig name from count S to word → text ≡ block brief command a.module.signature a.name t n S u word
+block_by a M m sig s name named brief command S word text from t f count n c to u e written =
+    written ∙ ap (λ x. block brief command x name from count S to word) (s ∙ ap (λ (N : Module). N.signature) m)
+    ∙ ap (λ x. block brief command a.module.signature x from count S to word) named ∙ ap (λ x. block brief command a.module.signature a.name x count S to word) f
+    ∙ ap (λ x. block brief command a.module.signature a.name t x S to word) c ∙ ap (λ x. block brief command a.module.signature a.name t n S x word) e

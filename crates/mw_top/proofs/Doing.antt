@@ -9,13 +9,15 @@ use Rattle.mw_top.specs.Purposes.{AskFor}
 use Rattle.mw_top.specs.declared.purpose.Purpose.{Purpose}
 use Rattle.mw_top.specs.declared.purpose.Purpose.TheVariants.{Run, Check}
 use Rattle.mw_words.specs.Asked.{Asks}
-use Rattle.mw_words.specs.declared.Asked.TheVariants.{Help, Version}
+use Rattle.mw_words.specs.declared.Asked.TheVariants.{Gen, Help, Version}
 use Rattle.mw_words.specs.declared.Asked.TheVariants as asked
 use Rattle.mw_words.proofs.Only.{one_answer}
 use Rattle.mw_top.specs.Moved.{Wrote}
 use Rattle.mw_top.specs.Outputs.{IsOutput}
-use Rattle.mw_top.specs.Call.{AskText, ReadsWhole, Ran, Did, HasOutput, IsExactFor, IsExact}
+use Rattle.mw_gen.specs.Workload.{workload_text}
+use Rattle.mw_top.specs.Call.{AskText, ReadsWhole, IsAnswered, source, workload, Ran, Did, HasOutput, IsExactFor, IsExact, IsExactOfWorkload}
 use Rattle.mw_top.proofs.OneOutput.{agree}
+use Rattle.mw_top.proofs.Asking.{workload_short}
 
 -- the statuses that an answer to bytes has
 abbrev pub IsOfBytes : ℕ → Type 0
@@ -34,8 +36,8 @@ pub never_6 : (s : ℕ) → IsOfBytes s → s ≡ 6 → ⊥
 never_6 s h e = ⊎_elim (λ a. omega (arith, a, e)) (λ k. ⊎_elim (λ a. omega (arith, a, e)) (λ a. omega (arith, a, e)) k) h
 
 pub ran : (words : List (List ℕ)) (left left_after held held_after : Option (List ℕ)) (P : Purpose → List ℕ → List ℕ → Type 0) (purpose : Purpose) (bytes : List ℕ)
-    → AskFor words purpose → ReadsWhole left left_after bytes → Wrote held held_after (P purpose bytes) → Ran words left left_after held held_after P
-ran words left left_after held held_after P purpose bytes asks read w = record { purpose = purpose; asked = asks; bytes = bytes; read = read; text = w.0; written = w.1; appended = w.2 }
+    → IsAnswered words left left_after purpose bytes → Wrote held held_after (P purpose bytes) → Ran words left left_after held held_after P
+ran words left left_after held held_after P purpose bytes answers w = record { purpose = purpose; bytes = bytes; answers = answers; text = w.0; written = w.1; appended = w.2 }
 
 by_status : {P : Type 0} (s : ℕ) → s ≤ 6 → (s ≡ 0 → P) → (s ≡ 1 → P) → (s ≡ 2 → P) → (s ≡ 3 → P) → (s ≡ 4 → P) → (s ≡ 5 → P) → (s ≡ 6 → P) → P
 by_status zero le a b c d e f g = a refl
@@ -79,6 +81,13 @@ no_help (Check max) e = cc
 no_version : (p : Purpose) → Version ≡ asked_of p → ⊥
 no_version (Run options) e = cc
 no_version (Check max) e = cc
+
+no_workload : (p : Purpose) (size : ℕ) (options : Options) → asked.Gen size options ≡ asked_of p → ⊥
+no_workload (Run o) size options e = cc
+no_workload (Check max) size options e = cc
+
+not_both : (words : List (List ℕ)) (p : Purpose) (size : ℕ) (options : Options) → AskFor words p → Asks words (Gen size options) → ⊥
+not_both words p size options asks other = no_workload p size options (one_answer words (asked_of p) (Gen size options) (asks_it words p asks) other)
 
 no_text : (words : List (List ℕ)) (purpose : Purpose) (text : List ℕ) → AskFor words purpose → AskText words text → ⊥
 no_text words purpose text asks h = ⊎_elim
@@ -125,11 +134,15 @@ module _ (purpose : Purpose) (bytes : List ℕ) where
 
 module _ (words : List (List ℕ)) (left left_after held held_after : Option (List ℕ)) (bytes : List ℕ) (purpose : Purpose) (told : left ≡ Some bytes) (asks : AskFor words purpose) where
   -- what was written answers these bytes
+  output_as : (bad : Bool) (q : Purpose) (seen text : List ℕ) → IsAnswered words left left_after q seen → IsOutput q seen text bad → HasOutput purpose bytes bad
+  output_as bad q seen text (source p bs asked read) written =
+      let m = one_purpose q purpose (one_answer words (asked_of purpose) (asked_of q) (asks_it words purpose asks) (asks_it words q asked)) in
+      let b = told_bytes left left_after bytes seen told read.given read.end in
+      (subst (λ bs. length bs ≤ 8388608) b read.short, (text, subst (λ n. IsOutput n bytes text bad) m (subst (λ bs. IsOutput q bs text bad) b written)))
+  output_as bad q seen text (workload size options other keeps) written = absurd (not_both words purpose size options asks other)
+
   output_of : (bad : Bool) → Ran words left left_after held held_after (λ m b text. IsOutput m b text bad) → HasOutput purpose bytes bad
-  output_of bad r =
-      let m = one_purpose r.purpose purpose (one_answer words (asked_of purpose) (asked_of r.purpose) (asks_it words purpose asks) (asks_it words r.purpose r.asked)) in
-      let b = told_bytes left left_after bytes r.bytes told r.read.given r.read.end in
-      (subst (λ bs. length bs ≤ 8388608) b r.read.short, (r.text, subst (λ n. IsOutput n bytes r.text bad) m (subst (λ bs. IsOutput r.purpose bs r.text bad) b r.written)))
+  output_of bad r = output_as bad r.purpose r.bytes r.text r.answers r.written
 
   module _ (source source_after sink sink_after s : ℕ) (d : Did words left left_after source source_after held held_after sink sink_after s) where
     are_many : s ≡ 6 → 8388608 < length bytes
@@ -150,3 +163,37 @@ exact words left left_after source source_after held held_after sink sink_after 
     (λ e. absurd (no_sink (at_4 e)))
     (λ e. inl e)
     (λ e. inr (exact_long purpose bytes s e (are_many words left left_after held held_after bytes purpose told asks source source_after sink sink_after s d e)))
+
+module _ (words : List (List ℕ)) (left left_after held held_after : Option (List ℕ)) (size : ℕ) (options : Options) (asks : Asks words (Gen size options)) where
+  -- what was written answers the workload
+  workload_as : (bad : Bool) (q : Purpose) (seen text : List ℕ) → IsAnswered words left left_after q seen → IsOutput q seen text bad → HasOutput (Run options) (workload_text size) bad
+  workload_as bad q seen text (source p bs asked read) written = absurd (not_both words q size options asked asks)
+  workload_as bad q seen text (workload n o other keeps) written =
+      let same : asked.Gen n o ≡ asked.Gen size options = one_answer words (Gen size options) (Gen n o) asks other in
+      let m : n ≡ size = (cc same) in
+      let p : o ≡ options = (cc same) in
+      (workload_short size asks.2.size_is.number.most, (text, subst (λ k. IsOutput (Run options) (workload_text k) text bad) m (subst (λ (x : Options). IsOutput (Run x) (workload_text n) text bad) p written)))
+
+  workload_of : (bad : Bool) → Ran words left left_after held held_after (λ m b text. IsOutput m b text bad) → HasOutput (Run options) (workload_text size) bad
+  workload_of bad r = workload_as bad r.purpose r.bytes r.text r.answers r.written
+
+  no_text_of_workload : (text : List ℕ) → AskText words text → ⊥
+  no_text_of_workload text h = ⊎_elim
+      (λ a. let wrong : Help ≡ asked.Gen size options = one_answer words (Gen size options) Help asks a.0 in cc wrong)
+      (λ a. let wrong : Version ≡ asked.Gen size options = one_answer words (Gen size options) Version asks a.0 in cc wrong)
+      h
+
+pub exact_of_workload : (words : List (List ℕ)) (left left_after : Option (List ℕ)) (source source_after : ℕ) (held held_after : Option (List ℕ)) (sink sink_after s : ℕ) (sink_rose : Type 0)
+    → (s ≡ 4 → sink_rose) → Did words left left_after source source_after held held_after sink sink_after s → IsExactOfWorkload words sink_rose s
+exact_of_workload words left left_after source source_after held held_after sink sink_after s sink_rose at_4 d = λ size options asks no_sink.
+    by_status s d.known
+    (λ e. ⊎_elim
+    (λ r. inr (exact_answered (Run options) (workload_text size) s e (workload_of words left left_after held held_after size options asks false r)))
+    (λ t. absurd (no_text_of_workload words left left_after held held_after size options asks t.text t.is))
+    (d.answered e))
+    (λ e. inr (exact_refused (Run options) (workload_text size) s e (workload_of words left left_after held held_after size options asks true (d.refused e))))
+    (λ e. absurd ((d.usage_told e).is.0 (Gen size options) asks))
+    (λ e. absurd (not_both words (d.source_failed e).0.0 size options (d.source_failed e).0.1 asks))
+    (λ e. absurd (no_sink (at_4 e)))
+    (λ e. inl e)
+    (λ e. absurd (not_both words (d.too_long e).0.0 size options (d.too_long e).0.1 asks))

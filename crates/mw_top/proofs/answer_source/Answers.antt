@@ -1,5 +1,5 @@
 use Rattle.std.proofs.Common.{inl}
-use Rattle.mw_top.specs.Call.{ReadsWhole}
+use Rattle.mw_top.specs.Call.{ReadsWhole, source}
 use Rattle.mw_top.proofs.Doing.{known_small, never_2, never_3, never_6, ran}
 use Rattle.mw_top.proofs.answer_source.Goals as goal
 
@@ -13,12 +13,12 @@ returns-in-Ok g c = λ words asks.
       source_kept = λ _. c.in-Ok.ensures.kept (λ e. cc);
       sink_kept = c.answer_bytes.ensures.kept;
       bounded = c.read_to_end.ensures.bounded;
-      answered = λ e. inl (ran words _ _ _ _ _ c.args.purpose c.in-Ok.bytes.items asks read (rw c.as_slice.ensures.value at (c.answer_bytes.ensures.answered e)));
-      refused = λ e. ran words _ _ _ _ _ c.args.purpose c.in-Ok.bytes.items asks read (rw c.as_slice.ensures.value at (c.answer_bytes.ensures.refused e));
+      answered = λ e. inl (ran words _ _ _ _ _ c.args.purpose c.in-Ok.bytes.items (source c.args.purpose c.in-Ok.bytes.items asks read) (rw c.as_slice.ensures.value at (c.answer_bytes.ensures.answered e)));
+      refused = λ e. ran words _ _ _ _ _ c.args.purpose c.in-Ok.bytes.items (source c.args.purpose c.in-Ok.bytes.items asks read) (rw c.as_slice.ensures.value at (c.answer_bytes.ensures.refused e));
       usage_told = λ e. absurd (never_2 c.answer_bytes.result c.answer_bytes.ensures.known e);
       source_failed = λ e. absurd (never_3 c.answer_bytes.result c.answer_bytes.ensures.known e);
       sink_failed = c.answer_bytes.ensures.failed;
-      cut = λ e. inl (ran words _ _ _ _ _ c.args.purpose c.in-Ok.bytes.items asks read (rw c.as_slice.ensures.value at (c.answer_bytes.ensures.cut e)));
-      memory = λ e. inl (ran words _ _ _ _ _ c.args.purpose c.in-Ok.bytes.items asks read (rw c.as_slice.ensures.value at (c.answer_bytes.ensures.memory e)));
+      cut = λ e. inl (ran words _ _ _ _ _ c.args.purpose c.in-Ok.bytes.items (source c.args.purpose c.in-Ok.bytes.items asks read) (rw c.as_slice.ensures.value at (c.answer_bytes.ensures.cut e)));
+      memory = λ e. inl (ran words _ _ _ _ _ c.args.purpose c.in-Ok.bytes.items (source c.args.purpose c.in-Ok.bytes.items asks read) (rw c.as_slice.ensures.value at (c.answer_bytes.ensures.memory e)));
       too_long = λ e. absurd (never_6 c.answer_bytes.result c.answer_bytes.ensures.known e);
     }

@@ -34,5 +34,5 @@ returns c =
       S,
       rw (c.context-context.ensures, c.to.ensures) at least,
       block_by c.args.accepted.now M c.context-context.ensures c.signature.result.now c.signature.ensures c.name.result.now c.name.ensures
-          (command_text c.args.repeated.command.now c.args.repeated.bound) S (word_of c.args.status) text.items _ _ c.from.ensures _ _ c.count.ensures _ _ c.to-2.ensures written,
+          c.args.brief (command_text c.args.repeated.command.now c.args.repeated.bound) S (word_of c.args.status) text.items _ _ c.from.ensures _ _ c.count.ensures _ _ c.to-2.ensures written,
     ))

@@ -8,18 +8,18 @@ use Rattle.mw_top.proofs.Answering.{rewritten_by, if_ok}
 use Rattle.mw_top.proofs.rewriting.rewritten_over.Goals as goal
 
 pub rewrite_alone-requires-clause-index : goal.rewrite_alone-requires-clause-index
-rewrite_alone-requires-clause-index c = subst (λ (M : Module). IsIndexOf M c.args.index.now) (sym c.context-context.ensures) c.requires.index
+rewrite_alone-requires-clause-index g c = subst (λ (M : Module). IsIndexOf M c.args.index.now) (sym c.context-context.ensures) c.requires.index
 
 pub rewrite_alone-requires-clause-admitted : goal.rewrite_alone-requires-clause-admitted
-rewrite_alone-requires-clause-admitted c = subst (λ (M : Module). IsAdmittedTerm M.signature c.args.term) (sym c.context-context.ensures) c.requires.admitted
+rewrite_alone-requires-clause-admitted g c = subst (λ (M : Module). IsAdmittedTerm M.signature c.args.term) (sym c.context-context.ensures) c.requires.admitted
 
 pub told-requires : goal.told-requires
-told-requires c =
+told-requires g c =
     let over = subst (λ (M : Module). IsAdmittedTerm M.signature c.in_ok-proved.proved.to) c.in_ok-proved.ensures.over c.shows.ensures.ends in
     subst (λ (M : Module). IsAdmittedTerm M.signature c.in_ok-proved.proved.to) c.context-context.ensures over
 
 pub returns : goal.returns
-returns c = λ written canonical.
+returns g c = λ written canonical.
     let bounds : Bounds = record { rules = c.args.bound; steps = c.args.options.max; side = c.args.options.max } in
     let made = subst (λ M. IsRewritingOf M c.args.term bounds c.in_ok-proved.proved c.in_ok-proved.outcome) c.context-context.ensures c.in_ok-proved.ensures in
     if_ok c.told.result c.told.ensures
