@@ -15,18 +15,26 @@ fn asked(alloc: Global, line: &str) -> Result<Result<Asked, WordsError>, Fail> {
 #[test]
 fn words_are_read(rt: HostRuntime) -> Result<(), Fail> {
     let alloc = rt.alloc();
-    for (line, max, proof) in [
-        ("mw run", 1_000_000, false),
-        ("another run", 1_000_000, false),
-        ("mw run --", 1_000_000, false),
-        ("mw run --max 1", 1, false),
-        ("mw run --max 5", 5, false),
-        ("mw run --max=10000000", 10_000_000, false),
-        ("mw run --proof", 1_000_000, true),
-        ("mw run --max 5 --proof", 5, true),
-        ("mw run --proof --max=5", 5, true),
+    for (line, max, proof, workers) in [
+        ("mw run", 1_000_000, false, 1),
+        ("another run", 1_000_000, false, 1),
+        ("mw run --", 1_000_000, false, 1),
+        ("mw run --max 1", 1, false, 1),
+        ("mw run --max 5", 5, false, 1),
+        ("mw run --max=10000000", 10_000_000, false, 1),
+        ("mw run --proof", 1_000_000, true, 1),
+        ("mw run --max 5 --proof", 5, true, 1),
+        ("mw run --proof --max=5", 5, true, 1),
+        ("mw run --workers 1", 1_000_000, false, 1),
+        ("mw run --workers=64", 1_000_000, false, 64),
+        ("mw run --workers 2 --max 5 --proof", 5, true, 2),
     ] {
-        let options = Options { max, proof };
+        let options = Options {
+            max,
+            proof,
+            workers,
+            brief: false,
+        };
         assert_eq!(rt; asked(alloc, line)?, Ok(Asked::Run(options)), "{line}");
     }
     for (line, want) in [
@@ -37,6 +45,7 @@ fn words_are_read(rt: HostRuntime) -> Result<(), Fail> {
         ("mw run --max 007 --help", Asked::Help),
         ("mw run --proof --help", Asked::Help),
         ("mw --help more", Asked::Help),
+        ("mw gen --help", Asked::Help),
         ("mw --version", Asked::Version),
         ("mw -V", Asked::Version),
     ] {
@@ -70,6 +79,27 @@ fn words_of_check_are_read(rt: HostRuntime) -> Result<(), Fail> {
 }
 
 #[test]
+fn words_of_gen_are_read(rt: HostRuntime) -> Result<(), Fail> {
+    let alloc = rt.alloc();
+    for (line, size, workers) in [
+        ("mw gen 2", 2, 1),
+        ("mw gen 2000", 2000, 1),
+        ("mw gen 500 --workers 4", 500, 4),
+        ("mw gen --workers=64 20", 20, 64),
+        ("mw gen -- 3", 3, 1),
+    ] {
+        let options = Options {
+            max: 1_000_000,
+            proof: false,
+            workers,
+            brief: true,
+        };
+        assert_eq!(rt; asked(alloc, line)?, Ok(Asked::Gen { size, options }), "{line}");
+    }
+    Ok(())
+}
+
+#[test]
 fn other_words_ask_for_nothing(rt: HostRuntime) -> Result<(), Fail> {
     let alloc = rt.alloc();
     for line in [
@@ -78,7 +108,6 @@ fn other_words_ask_for_nothing(rt: HostRuntime) -> Result<(), Fail> {
         "mw help",
         "mw Run",
         "mw Check",
-        "mw gen 2",
         "mw --max 5 run",
         "mw --max 5 check",
         "mw run check",
@@ -97,7 +126,9 @@ fn other_words_ask_for_nothing(rt: HostRuntime) -> Result<(), Fail> {
         "mw run --proof 1",
         "mw run --proof=true",
         "mw run --proof --proof",
-        "mw run --workers 2",
+        "mw run --workers 0",
+        "mw run --workers 65",
+        "mw run --workers 2 --workers 2",
         "mw run --rounds",
         "mw run --version",
         "mw check x",
@@ -109,6 +140,17 @@ fn other_words_ask_for_nothing(rt: HostRuntime) -> Result<(), Fail> {
         "mw check --proof",
         "mw check --proof --help",
         "mw check --version",
+        "mw check --workers 2",
+        "mw gen",
+        "mw gen 1",
+        "mw gen 2001",
+        "mw gen 02",
+        "mw gen +2",
+        "mw gen 2 3",
+        "mw gen 2 --max 5",
+        "mw gen 2 --proof",
+        "mw gen 2 --workers 65",
+        "mw gen --workers 2",
     ] {
         assert_eq!(rt; asked(alloc, line)?, Err(WordsError::Usage), "{line}");
     }

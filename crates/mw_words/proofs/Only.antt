@@ -28,8 +28,12 @@ one_command words m n r s p q =
 run≢check : codes "run" ≢ codes "check"
 run≢check e = (cc)
 
+abbrev first_byte : List ℕ → ℕ
+first_byte [] = 0
+first_byte (b ∷ bs) = b
+
 run≢gen : codes "run" ≢ codes "gen"
-run≢gen e = (cc)
+run≢gen e = let differ : 114 ≡ 103 = ap first_byte e in omega (arith, differ)
 
 check≢gen : codes "check" ≢ codes "gen"
 check≢gen e = (cc)
@@ -104,6 +108,14 @@ one_answer words Version (Check n) p q = (cc (p, q.1.taken))
 one_answer words Version (Gen n o) p q = (cc (p, q.1.taken))
 one_answer words Version Help p q = (cc (p, q))
 one_answer words Version Version p q = refl
+
+-- where the words name `gen`, they ask for what its arguments do
+pub gen_alone : (words : List (List ℕ)) (rows : List Row) → IsCommand words (codes "gen") rows → ((size : ℕ) (o : Options) → IsGenerating rows size o → ⊥) → (a : Asked) → Asks words a → ⊥
+gen_alone words rows is none (Run o) asks = absurd (run≢gen (one_command words (codes "run") (codes "gen") asks.0 rows asks.1 is).0)
+gen_alone words rows is none (Check max) asks = absurd (check≢gen (one_command words (codes "check") (codes "gen") asks.0 rows asks.1 is).0)
+gen_alone words rows is none (Gen size o) asks = none size o (subst (λ r. IsGenerating r size o) (one_command words (codes "gen") (codes "gen") asks.0 rows asks.1 is).1 asks.2)
+gen_alone words rows is none Help asks = (cc (is.taken, asks))
+gen_alone words rows is none Version asks = (cc (is.taken, asks))
 
 -- a request at which clap's walk may end is what the words ask for
 request_asked : (words : List (List ℕ)) (k : ErrorKind) → (k ≡ OutOfMemory) ⊎ IsAmong k (fault_of mw_app words) → (r : ErrorKind) → is_request r ≡ true → OutOfMemory ≢ r

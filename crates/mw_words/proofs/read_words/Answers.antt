@@ -1,5 +1,5 @@
 use Rattle.std.proofs.Common.{rules}
-use Rattle.mw_words.proofs.Only.{asked_instead_asks, asked_only}
+use Rattle.mw_words.proofs.Only.{asked_instead_asks, asked_only, gen_alone}
 use Rattle.mw_words.proofs.read_words.Goals as goal
 
 pub returns-in-Err-clause-asked : goal.returns-in-Err-clause-asked
@@ -13,3 +13,6 @@ returns-in-Some-check-default-clause-only c = asked_only _ c.read_check.result (
 
 pub returns-in-Some-gen-default-clause-only : goal.returns-in-Some-gen-default-clause-only
 returns-in-Some-gen-default-clause-only c = asked_only _ c.read_gen.result (search rules)
+
+pub returns-in-Some-gen-default-clause-usage : goal.returns-in-Some-gen-default-clause-usage
+returns-in-Some-gen-default-clause-usage c = λ e a asks. gen_alone _ _ ? ? a asks
