@@ -39,6 +39,13 @@ to 9@s(9@s(8@z))
 endproof
 ";
 
+// The source isn't read.
+const GENERATED: &str = "rewrite in GEN : accounts(2) moves(2, 2) .
+rewrites: 18
+result Configuration
+status: final
+";
+
 const USAGE: &str = "usage: mw run, mw check, mw gen\n";
 
 /// Words behind the program's name, parted by single spaces.
@@ -54,7 +61,7 @@ fn words(alloc: Global, line: &str) -> Result<Vec<String>, AllocError> {
 /// front of what is written.
 type Row = (&'static str, &'static str, u64, u64, u8, &'static str);
 
-static ROWS: [Row; 18] = [
+static ROWS: [Row; 19] = [
     ("mw run", "", 0, 0, 0, ""),
     ("mw run", PEANO, 0, 0, 0, PEANO_BLOCK),
     ("mw --version", PEANO, 1, 0, 0, "mw 0.1.0\n"),
@@ -80,6 +87,7 @@ static ROWS: [Row; 18] = [
         "proof 1: no at step 1: binding\n",
     ),
     ("mw check", CHECKED, 0, 2, 4, "proof 1"),
+    ("mw gen 2", PEANO, 1, 0, 0, GENERATED),
 ];
 
 /// A row whose source gives 100 bytes a call, and whose sink takes seven.
@@ -114,6 +122,26 @@ fn help_is_told(rt: HostRuntime) -> Result<(), Fail> {
     assert_eq!(rt; status, Some(0));
     assert_eq!(rt; source.faults(), 0);
     assert!(rt; sink.bytes().starts_with(b"mw run [--max N]"));
+    Ok(())
+}
+
+#[test]
+fn several_workers_are_not_for_one_thread(rt: HostRuntime) -> Result<(), Fail> {
+    let alloc = rt.alloc();
+    for (line, wanted) in [
+        ("mw run --workers 1", Some(0)),
+        ("mw run --workers 2", None),
+        ("mw run --max 5 --workers=64", None),
+        ("mw gen 2 --workers 2", None),
+        ("mw run --workers 65", Some(2)),
+    ] {
+        let words = words(alloc, line)?;
+        let mut source = MemSource::new(PEANO.as_bytes().to_vec(alloc)?, 1000, Vec::new(alloc));
+        let mut sink = MemSink::new(alloc, 1000, 1000, Vec::new(alloc))?;
+        let status = alone(alloc, words.as_slice(), &mut source, &mut sink);
+        assert_eq!(rt; status, wanted, "{line}");
+        assert!(rt; wanted.is_some() || sink.bytes().is_empty(), "{line}");
+    }
     Ok(())
 }
 

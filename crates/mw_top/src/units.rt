@@ -1,7 +1,7 @@
 // The units of a source, each answered in turn.
 ghost use Rattle.std.specs.Prelude.{◌≡◌, ◌≢◌, ◌<◌, ◌≤◌, ◌⊎◌, List, [], length, take, IfOk, true, false};
 ghost use Rattle.mw_outside.specs.Causes.{Rose};
-ghost use Rattle.mw_module.specs.Units.{Outcome, Reads};
+ghost use Rattle.mw_module.specs.Units.{Outcome as UnitOutcome, Reads};
 ghost use Rattle.mw_top.specs.Purposes.{IsAllowed, takes_proofs};
 ghost use Rattle.mw_top.specs.Rewriters.{IsRewriting, MayBeRewritten};
 ghost use Rattle.mw_top.specs.Sources.{Gives};
@@ -31,7 +31,7 @@ fn answer_next<'s, F: for<'m> Fn(Rewriting<'m>) -> Result<(Proved<'m>, Outcome),
     requires allowed { IsAllowed purpose }
     requires may { (x : _) → MayBeRewritten x → F.pre rewrite.now x }
     requires gives { (x : _) (r : _) → F.post rewrite.now x r → IsRewriting x r }
-    ensures gives { IfOk result (λ r. (outcome : Outcome) × Reads (takes_proofs purpose) tokens.now at outcome r.1 × Gives purpose session.old outcome r.0.text.items r.0.refused session.new) }
+    ensures gives { IfOk result (λ r. (outcome : UnitOutcome) × Reads (takes_proofs purpose) tokens.now at outcome r.1 × Gives purpose session.old outcome r.0.text.items r.0.refused session.new) }
     ensures further { IfOk result (λ r. (at < r.1) × (r.1 ≤ length tokens.now)) }
 {
     let (outcome, next) = read_unit(alloc, tokens, at, purpose.takes_proofs())?;
