@@ -1,6 +1,6 @@
 -- What was written for the bytes of a source.
 use Rattle.std.proofs.lemmas.List.{append-nil}
-use Rattle.std.proofs.Common.{◌≡◌, ◌++◌, ℕ, Bool, true, List, [], take, Ok, Err, None, Some, refl, sym, ◌∙◌}
+use Rattle.std.proofs.Common.{◌≡◌, ◌++◌, ℕ, Bool, true, List, [], take, Ok, Err, None, Some, ◌≤◌, arith, refl, sym, ◌∙◌}
 use Rattle.std.specs.declared.option.Option.{Option}
 use Rattle.std.specs.Io.KnownBytes.{Appends, Keeps}
 use Rattle.mw_top.specs.declared.purpose.Purpose.{Purpose}
@@ -8,7 +8,7 @@ use Rattle.mw_lex.specs.declared.token.LexFault.{LexFault}
 use Rattle.mw_lex.specs.declared.token.Token.{Token}
 use Rattle.mw_top.specs.Preludes.{source_tokens}
 use Rattle.mw_top.specs.Sources.{told_refusal}
-use Rattle.mw_top.specs.Moved.{Took, Wrote}
+use Rattle.mw_top.specs.Moved.{Gave, Took, Wrote}
 use Rattle.mw_top.specs.Outputs.{IsOutput, IsBegun, IsCut, AreDone, AreBegun, AreCut, unlexed, answered, nothing, units, in_refusal, in_unit, lexing_refusal}
 
 module _ (purpose : Purpose) (bytes : List ℕ) (old new : Option (List ℕ)) where
@@ -42,3 +42,8 @@ module _ (purpose : Purpose) (bytes : List ℕ) (old new : Option (List ℕ)) wh
 pub keeps_same : (o : Option (List ℕ)) → Keeps o o
 keeps_same None = tt
 keeps_same (Some xs) = refl
+
+-- a source that isn't read gives no byte
+pub gave_none : (o : Option (List ℕ)) (most : ℕ) → Gave o o (λ n. n ≤ most)
+gave_none None most = ([], tt, omega arith)
+gave_none (Some xs) most = ([], refl, omega arith)

@@ -197,3 +197,11 @@ exact_of_workload words left left_after source source_after held held_after sink
     (λ e. absurd (no_sink (at_4 e)))
     (λ e. inl e)
     (λ e. absurd (not_both words (d.too_long e).0.0 size options (d.too_long e).0.1 asks))
+
+-- a call that begins where another left the source and the sink as they were
+pub did_there : {S K : Type 0} (left : S → Option (List ℕ)) (source : S → ℕ) (held : K → Option (List ℕ)) (sink : K → ℕ) (words : List (List ℕ)) (s t u : S) (k l m : K) (status : ℕ)
+    → t ≡ s → l ≡ k → Did words (left t) (left u) (source t) (source u) (held l) (held m) (sink l) (sink m) status
+    → Did words (left s) (left u) (source s) (source u) (held k) (held m) (sink k) (sink m) status
+did_there {S} {K} left source held sink words s t u k l m status same kept d =
+    subst (λ (x : K). Did words (left s) (left u) (source s) (source u) (held x) (held m) (sink x) (sink m) status) kept
+    (subst (λ (x : S). Did words (left x) (left u) (source x) (source u) (held l) (held m) (sink l) (sink m) status) same d)

@@ -4,7 +4,7 @@ use Rattle.mw_gen.specs.Workload.{workload_text}
 use Rattle.mw_top.specs.Call.{IsAnswered, workload}
 use Rattle.mw_top.specs.declared.purpose.Purpose.TheVariants.{Run}
 use Rattle.mw_top.proofs.Asking.{workload_short}
-use Rattle.mw_top.proofs.Bytes.{keeps_same}
+use Rattle.mw_top.proofs.Bytes.{gave_none, keeps_same}
 use Rattle.mw_top.proofs.Doing.{known_small, never_2, never_3, never_6, ran}
 use Rattle.mw_top.proofs.answer_workload.Goals as goal
 
@@ -24,7 +24,7 @@ returns-in-Ok g c = λ words left faults asks.
       sink_later = c.answer_bytes.ensures.later;
       source_kept = λ _. refl;
       sink_kept = c.answer_bytes.ensures.kept;
-      bounded = ?;
+      bounded = gave_none left 8388609;
       answered = λ e. inl (ran words left left _ _ _ (Run c.args.options) c.as_slice.result.now answers (c.answer_bytes.ensures.answered e));
       refused = λ e. ran words left left _ _ _ (Run c.args.options) c.as_slice.result.now answers (c.answer_bytes.ensures.refused e);
       usage_told = λ e. absurd (never_2 c.answer_bytes.result c.answer_bytes.ensures.known e);
