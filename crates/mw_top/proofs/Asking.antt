@@ -1,5 +1,5 @@
 -- What is known of what words ask for.
-use Rattle.std.proofs.Common.{◌≡◌, ◌≤◌, ◌<◌, ◌^◌, ◌⊎◌, ℕ, List, Option, None, Some, Result, Ok, Err, length, length-append, codes, arith, refl, sym, subst, inl, inr, ⊎_elim}
+use Rattle.std.proofs.Common.{◌≡◌, ◌≤◌, ◌<◌, ◌^◌, ◌+◌, ◌++◌, ◌⊎◌, ℕ, List, Option, None, Some, Result, Ok, Err, length, length-append, codes, arith, refl, sym, subst, inl, inr, ⊎_elim}
 use Rattle.std.proofs.lemmas.Fmt.{length-decimal-le}
 use Rattle.std.specs.Prelude.{IfOk, IsErrOf}
 use Rattle.std.specs.Fmt.{decimal}
@@ -50,9 +50,24 @@ asks_one words (Ok a) only nothing one = inr (λ several. ⊎_elim
 asks_one words (Err Memory) only nothing one = inl refl
 asks_one words (Err Usage) only nothing one = inr (λ several. ⊎_elim (λ h. nothing refl (Run h.0) h.1) (λ h. nothing refl (Gen h.0 h.1) h.2) several)
 
+-- two lists that are short are short one after the other
+short_both : (xs ys : List ℕ) (m n : ℕ) → length xs ≤ m → length ys ≤ n → length (xs ++ ys) ≤ m + n
+short_both xs ys m n a b = rw (length-append xs ys) (omega (arith, a, b))
+
+-- a command is short whose number has few digits
+command_short : (d : List ℕ) → length d ≤ 4 → length (codes "rewrite accounts(" ++ d ++ codes ") moves(" ++ d ++ codes ", " ++ d ++ codes ") .\n") ≤ 43
+command_short d few =
+    let first : length (codes "rewrite accounts(" ++ d) ≤ 21 = short_both (codes "rewrite accounts(") d 17 4 (omega arith) few in
+    let moves : length (codes "rewrite accounts(" ++ d ++ codes ") moves(") ≤ 29 = short_both (codes "rewrite accounts(" ++ d) (codes ") moves(") 21 8 first (omega arith) in
+    let second : length (codes "rewrite accounts(" ++ d ++ codes ") moves(" ++ d) ≤ 33 = short_both (codes "rewrite accounts(" ++ d ++ codes ") moves(") d 29 4 moves few in
+    let comma : length (codes "rewrite accounts(" ++ d ++ codes ") moves(" ++ d ++ codes ", ") ≤ 35 = short_both (codes "rewrite accounts(" ++ d ++ codes ") moves(" ++ d) (codes ", ") 33 2 second (omega arith) in
+    let third : length (codes "rewrite accounts(" ++ d ++ codes ") moves(" ++ d ++ codes ", " ++ d) ≤ 39 = short_both (codes "rewrite accounts(" ++ d ++ codes ") moves(" ++ d ++ codes ", ") d 35 4 comma few in
+    short_both (codes "rewrite accounts(" ++ d ++ codes ") moves(" ++ d ++ codes ", " ++ d) (codes ") .\n") 39 4 third (omega arith)
+
 -- a workload is no longer than a source may be
 pub workload_short : (size : ℕ) → size ≤ 2000 → length (workload_text size) ≤ 8388608
 workload_short size most =
     let digits : length (decimal size) ≤ 4 = length-decimal-le 4 size (omega arith) (omega (arith, most)) (omega (arith, most)) in
     let module_length : length module_text ≤ 1000 = omega arith in
-    omega (arith, length-append {A = ℕ}, digits, module_length)
+    let all : length (module_text ++ command_text size) ≤ 1043 = short_both module_text (command_text size) 1000 43 module_length (command_short (decimal size) digits) in
+    omega (arith, all)

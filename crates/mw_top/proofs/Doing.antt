@@ -144,14 +144,14 @@ module _ (words : List (List ℕ)) (left left_after held held_after : Option (Li
   output_of : (bad : Bool) → Ran words left left_after held held_after (λ m b text. IsOutput m b text bad) → HasOutput purpose bytes bad
   output_of bad r = output_as bad r.purpose r.bytes r.text r.answers r.written
 
-  module _ (source source_after sink sink_after s : ℕ) (d : Did words left left_after source source_after held held_after sink sink_after s) where
+  module _ (faults faults_after sink sink_after s : ℕ) (d : Did words left left_after faults faults_after held held_after sink sink_after s) where
     are_many : s ≡ 6 → 8388608 < length bytes
     are_many e = let t = d.too_long e in omega (arith, told_length left left_after bytes t.1.0 told t.1.1, t.1.2)
 
-pub exact : (words : List (List ℕ)) (left left_after : Option (List ℕ)) (source source_after : ℕ) (held held_after : Option (List ℕ)) (sink sink_after s : ℕ) (source_rose sink_rose : Type 0)
+pub exact : (words : List (List ℕ)) (left left_after : Option (List ℕ)) (faults faults_after : ℕ) (held held_after : Option (List ℕ)) (sink sink_after s : ℕ) (source_rose sink_rose : Type 0)
     → (s ≡ 3 → source_rose) → (s ≡ 4 → sink_rose)
-    → Did words left left_after source source_after held held_after sink sink_after s → IsExact words left source_rose sink_rose s
-exact words left left_after source source_after held held_after sink sink_after s source_rose sink_rose at_3 at_4 d = λ bytes purpose told asks no_source no_sink.
+    → Did words left left_after faults faults_after held held_after sink sink_after s → IsExact words left source_rose sink_rose s
+exact words left left_after faults faults_after held held_after sink sink_after s source_rose sink_rose at_3 at_4 d = λ bytes purpose told asks no_source no_sink.
     by_status s d.known
     (λ e. ⊎_elim
     (λ r. inr (exact_answered purpose bytes s e (output_of words left left_after held held_after bytes purpose told asks false r)))
@@ -162,7 +162,7 @@ exact words left left_after source source_after held held_after sink sink_after 
     (λ e. absurd (no_source (at_3 e)))
     (λ e. absurd (no_sink (at_4 e)))
     (λ e. inl e)
-    (λ e. inr (exact_long purpose bytes s e (are_many words left left_after held held_after bytes purpose told asks source source_after sink sink_after s d e)))
+    (λ e. inr (exact_long purpose bytes s e (are_many words left left_after held held_after bytes purpose told asks faults faults_after sink sink_after s d e)))
 
 module _ (words : List (List ℕ)) (left left_after held held_after : Option (List ℕ)) (size : ℕ) (options : Options) (asks : Asks words (Gen size options)) where
   -- what was written answers the workload
@@ -183,9 +183,9 @@ module _ (words : List (List ℕ)) (left left_after held held_after : Option (Li
       (λ a. let wrong : Version ≡ asked.Gen size options = one_answer words (Gen size options) Version asks a.0 in cc wrong)
       h
 
-pub exact_of_workload : (words : List (List ℕ)) (left left_after : Option (List ℕ)) (source source_after : ℕ) (held held_after : Option (List ℕ)) (sink sink_after s : ℕ) (sink_rose : Type 0)
-    → (s ≡ 4 → sink_rose) → Did words left left_after source source_after held held_after sink sink_after s → IsExactOfWorkload words sink_rose s
-exact_of_workload words left left_after source source_after held held_after sink sink_after s sink_rose at_4 d = λ size options asks no_sink.
+pub exact_of_workload : (words : List (List ℕ)) (left left_after : Option (List ℕ)) (faults faults_after : ℕ) (held held_after : Option (List ℕ)) (sink sink_after s : ℕ) (sink_rose : Type 0)
+    → (s ≡ 4 → sink_rose) → Did words left left_after faults faults_after held held_after sink sink_after s → IsExactOfWorkload words sink_rose s
+exact_of_workload words left left_after faults faults_after held held_after sink sink_after s sink_rose at_4 d = λ size options asks no_sink.
     by_status s d.known
     (λ e. ⊎_elim
     (λ r. inr (exact_answered (Run options) (workload_text size) s e (workload_of words left left_after held held_after size options asks false r)))
@@ -199,9 +199,14 @@ exact_of_workload words left left_after source source_after held held_after sink
     (λ e. absurd (not_both words (d.too_long e).0.0 size options (d.too_long e).0.1 asks))
 
 -- a call that begins where another left the source and the sink as they were
-pub did_there : {S K : Type 0} (left : S → Option (List ℕ)) (source : S → ℕ) (held : K → Option (List ℕ)) (sink : K → ℕ) (words : List (List ℕ)) (s t u : S) (k l m : K) (status : ℕ)
-    → t ≡ s → l ≡ k → Did words (left t) (left u) (source t) (source u) (held l) (held m) (sink l) (sink m) status
-    → Did words (left s) (left u) (source s) (source u) (held k) (held m) (sink k) (sink m) status
-did_there {S} {K} left source held sink words s t u k l m status same kept d =
-    subst (λ (x : K). Did words (left s) (left u) (source s) (source u) (held x) (held m) (sink x) (sink m) status) kept
-    (subst (λ (x : S). Did words (left x) (left u) (source x) (source u) (held l) (held m) (sink l) (sink m) status) same d)
+pub did_there : {S K : Type 0} (left : S → Option (List ℕ)) (faults : S → ℕ) (held : K → Option (List ℕ)) (sink : K → ℕ) (words : List (List ℕ)) (s t u : S) (k l m : K) (status : ℕ)
+    → t ≡ s → l ≡ k → Did words (left t) (left u) (faults t) (faults u) (held l) (held m) (sink l) (sink m) status
+    → Did words (left s) (left u) (faults s) (faults u) (held k) (held m) (sink k) (sink m) status
+did_there {S} {K} left faults held sink words s t u k l m status same kept d =
+    subst (λ (x : K). Did words (left s) (left u) (faults s) (faults u) (held x) (held m) (sink x) (sink m) status) kept
+    (subst (λ (x : S). Did words (left x) (left u) (faults x) (faults u) (held l) (held m) (sink l) (sink m) status) same d)
+
+-- what is not some value is none
+pub none_from : {A : Type 0} (o : Option A) → ((x : A) → o ≡ Some x → ⊥) → o ≡ None
+none_from None h = refl
+none_from (Some x) h = absurd (h x refl)

@@ -8,8 +8,8 @@ use Rattle.mw_top.proofs.alone.Goals as goal
 pub returns-then-is_for_several-clause-none : goal.returns-then-is_for_several-clause-none
 returns-then-is_for_several-clause-none g c = λ _. asks_several (texts c.args.words.now) c.read_words-asked.result c.read_words-asked.ensures.asked (c.is_for_several.ensures.0 c.if-is_for_several.true)
 
-pub run-requires-clause-can : goal.run-requires-clause-can
-run-requires-clause-can g c = can_be_done (texts c.args.words.now) c.read_words-asked.result c.read_words-asked.ensures.asked
+pub run-status-requires-clause-can : goal.run-status-requires-clause-can
+run-status-requires-clause-can g c = can_be_done (texts c.args.words.now) c.read_words-asked.result c.read_words-asked.ensures.asked
 
 pub returns-clause-some : goal.returns-clause-some
 returns-clause-some g c = ⊎_elim (λ m. inl (c.run-status.ensures.memory m)) (λ n. inr n)
