@@ -122,9 +122,13 @@ pub fn alone<S: Source, K: Sink>(
     if is_for_several(&asked) {
         return None;
     }
-    let status = run(alloc, asked, source, sink, &|rewriting| {
-        by_one(alloc, rewriting)
-    });
+    let status = run(
+        alloc,
+        asked,
+        source,
+        sink,
+        &|rewriting| { by_one(alloc, rewriting) },
+    );
     Some(status)
 }
 
@@ -207,13 +211,7 @@ fn run<
     S: Source,
     K: Sink,
     F: for<'m> Fn(Rewriting<'m>) -> Result<(Proved<'m>, Outcome), AllocError>,
->(
-    alloc: Global,
-    asked: Result<Asked, WordsError>,
-    source: &mut S,
-    sink: &mut K,
-    rewrite: &F,
-) -> u8
+>(alloc: Global, asked: Result<Asked, WordsError>, source: &mut S, sink: &mut K, rewrite: &F) -> u8
     requires can { CanBeDone asked }
     requires may { (x : _) → MayBeRewritten x → F.pre rewrite.now x }
     requires gives { (x : _) (r : _) → F.post rewrite.now x r → IsRewriting x r }
@@ -227,9 +225,7 @@ fn run<
         Ok(Asked::Check { max }) => {
             answer_source(alloc, Purpose::Check { max }, source, sink, rewrite)
         }
-        Ok(Asked::Gen { size, options }) => {
-            answer_workload(alloc, size, options, sink, rewrite)
-        }
+        Ok(Asked::Gen { size, options }) => { answer_workload(alloc, size, options, sink, rewrite) }
         Ok(Asked::Help) => tell(sink, help_text(), 0),
         Ok(Asked::Version) => tell(sink, version_text(), 0),
         Err(WordsError::Usage) => tell(sink, USAGE, 2),
@@ -258,13 +254,7 @@ fn answer_source<
     S: Source,
     K: Sink,
     F: for<'m> Fn(Rewriting<'m>) -> Result<(Proved<'m>, Outcome), AllocError>,
->(
-    alloc: Global,
-    purpose: Purpose,
-    source: &mut S,
-    sink: &mut K,
-    rewrite: &F,
-) -> u8
+>(alloc: Global, purpose: Purpose, source: &mut S, sink: &mut K, rewrite: &F) -> u8
     requires allowed { IsAllowed purpose }
     requires may { (x : _) → MayBeRewritten x → F.pre rewrite.now x }
     requires gives { (x : _) (r : _) → F.post rewrite.now x r → IsRewriting x r }
@@ -283,13 +273,7 @@ fn answer_source<
 fn answer_workload<
     K: Sink,
     F: for<'m> Fn(Rewriting<'m>) -> Result<(Proved<'m>, Outcome), AllocError>,
->(
-    alloc: Global,
-    size: u32,
-    options: Options,
-    sink: &mut K,
-    rewrite: &F,
-) -> u8
+>(alloc: Global, size: u32, options: Options, sink: &mut K, rewrite: &F) -> u8
     requires some { 2 ≤ size }
     requires few { size ≤ 2000 }
     requires may { (x : _) → MayBeRewritten x → F.pre rewrite.now x }
@@ -304,10 +288,7 @@ fn answer_workload<
 }
 
 /// Answers the units of these bytes.
-fn answer_bytes<
-    K: Sink,
-    F: for<'m> Fn(Rewriting<'m>) -> Result<(Proved<'m>, Outcome), AllocError>,
->(
+fn answer_bytes<K: Sink, F: for<'m> Fn(Rewriting<'m>) -> Result<(Proved<'m>, Outcome), AllocError>>(
     alloc: Global,
     bytes: &[u8],
     purpose: Purpose,

@@ -46,13 +46,7 @@ fn answer_next<'s, F: for<'m> Fn(Rewriting<'m>) -> Result<(Proved<'m>, Outcome),
 pub fn answer_units<
     K: Sink,
     F: for<'m> Fn(Rewriting<'m>) -> Result<(Proved<'m>, Outcome), AllocError>,
->(
-    alloc: Global,
-    tokens: &[Token],
-    purpose: Purpose,
-    sink: &mut K,
-    rewrite: &F,
-) -> u8
+>(alloc: Global, tokens: &[Token], purpose: Purpose, sink: &mut K, rewrite: &F) -> u8
     requires allowed { IsAllowed purpose }
     requires may { (x : _) → MayBeRewritten x → F.pre rewrite.now x }
     requires gives { (x : _) (r : _) → F.post rewrite.now x r → IsRewriting x r }
@@ -69,7 +63,8 @@ pub fn answer_units<
     let mut at = 0;
     let mut refused = false;
     while at < tokens.len() {
-        let Ok((answer, next)) = answer_next(alloc, &mut session, tokens, at, purpose, rewrite) else {
+        let Ok((answer, next)) = answer_next(alloc, &mut session, tokens, at, purpose, rewrite)
+        else {
             return 5;
         };
         match write_whole(sink, answer.text.as_slice()) {
