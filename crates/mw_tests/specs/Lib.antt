@@ -1,2 +1,3 @@
--- A signature with numbers, and what its terms are.
+-- A signature with numbers, and what its terms are; statements without variables.
 pub mod Numbers
+pub mod Bare

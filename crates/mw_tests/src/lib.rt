@@ -5,6 +5,10 @@
 #[cfg(test)]
 mod board;
 #[cfg(test)]
+mod calls;
+#[cfg(test)]
+mod engine;
+#[cfg(test)]
 mod numerals;
 #[cfg(test)]
 mod parts;
