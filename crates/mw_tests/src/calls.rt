@@ -76,14 +76,17 @@ fn rests_and_reduces<'m>(
     Ok(then(first, second)?)
 }
 
+fn are_following(alloc: Global, accepted: &Module) -> Result<bool, Fail> {
+    let index = Index::of(alloc, accepted.context())?;
+    let start = term(alloc, accepted, "f(a, a)")?;
+    let proof = rests_and_reduces(alloc, accepted.context(), &index, start)?;
+    leads(alloc, accepted, &proof, ("f(a, a)", "f(b, b)", 2))
+}
+
 #[test]
 fn proofs_follow_one_another(rt: HostRuntime) -> Result<(), Fail> {
-    let alloc = rt.alloc();
-    let accepted = module(alloc, SOURCE)?;
-    let index = Index::of(alloc, accepted.context())?;
-    let start = term(alloc, &accepted, "f(a, a)")?;
-    let proof = rests_and_reduces(alloc, accepted.context(), &index, start)?;
-    assert!(rt; leads(alloc, &accepted, &proof, ("f(a, a)", "f(b, b)", 2))?);
+    let accepted = module(rt.alloc(), SOURCE)?;
+    assert!(rt; are_following(rt.alloc(), &accepted)?);
     Ok(())
 }
 
@@ -157,19 +160,47 @@ fn rests_beside<'m>(
     Ok(beside(alloc, context, operator, pieces)?)
 }
 
+/// What is put under an operator: a whole, and its two arguments.
+struct Under {
+    whole: Term,
+    first: Term,
+    second: Term,
+}
+
+fn under_of(alloc: Global, accepted: &Module, whole: &str) -> Result<Under, Fail>
+    ensures whole { IfOk result (λ u. IsAdmittedTerm accepted.now.module.signature u.whole) }
+    ensures first { IfOk result (λ u. IsAdmittedTerm accepted.now.module.signature u.first) }
+    ensures second { IfOk result (λ u. IsAdmittedTerm accepted.now.module.signature u.second) }
+{
+    let whole = term(alloc, accepted, whole)?;
+    let first = term(alloc, accepted, "a")?;
+    let second = term(alloc, accepted, "b")?;
+    Ok(Under {
+        whole,
+        first,
+        second,
+    })
+}
+
+fn stands_under(alloc: Global, accepted: &Module) -> Result<bool, Fail> {
+    let text = "f(a, b)";
+    let it = under_of(alloc, accepted, text)?;
+    let proof = rests_under(alloc, accepted.context(), &it.whole, &it.first, &it.second)?;
+    leads(alloc, accepted, &proof, (text, text, 0))
+}
+
+fn stands_beside(alloc: Global, accepted: &Module) -> Result<bool, Fail> {
+    let text = "g(a, b)";
+    let it = under_of(alloc, accepted, text)?;
+    let proof = rests_beside(alloc, accepted.context(), &it.whole, &it.first, &it.second)?;
+    leads(alloc, accepted, &proof, (text, text, 0))
+}
+
 #[test]
 fn proofs_stand_under_operators(rt: HostRuntime) -> Result<(), Fail> {
-    let alloc = rt.alloc();
-    let accepted = module(alloc, SOURCE)?;
-    let context = accepted.context();
-    let first = term(alloc, &accepted, "a")?;
-    let second = term(alloc, &accepted, "b")?;
-    let whole = term(alloc, &accepted, "f(a, b)")?;
-    let proof = rests_under(alloc, context, &whole, &first, &second)?;
-    assert!(rt; leads(alloc, &accepted, &proof, ("f(a, b)", "f(a, b)", 0))?);
-    let whole = term(alloc, &accepted, "g(a, b)")?;
-    let proof = rests_beside(alloc, context, &whole, &first, &second)?;
-    assert!(rt; leads(alloc, &accepted, &proof, ("g(a, b)", "g(a, b)", 0))?);
+    let accepted = module(rt.alloc(), SOURCE)?;
+    assert!(rt; stands_under(rt.alloc(), &accepted)?);
+    assert!(rt; stands_beside(rt.alloc(), &accepted)?);
     Ok(())
 }
 
@@ -221,12 +252,15 @@ fn by_last<'m>(alloc: Global, context: &'m Ctx) -> Result<Proved<'m>, Fail> {
     Ok(replace(alloc, context, 0, by)?)
 }
 
+fn is_one_replacement(alloc: Global, accepted: &Module) -> Result<bool, Fail> {
+    let proof = by_last(alloc, accepted.context())?;
+    leads(alloc, accepted, &proof, ("a", "b", 1))
+}
+
 #[test]
 fn a_statement_is_one_replacement(rt: HostRuntime) -> Result<(), Fail> {
-    let alloc = rt.alloc();
-    let accepted = module(alloc, SOURCE)?;
-    let proof = by_last(alloc, accepted.context())?;
-    assert!(rt; leads(alloc, &accepted, &proof, ("a", "b", 1))?);
+    let accepted = module(rt.alloc(), SOURCE)?;
+    assert!(rt; is_one_replacement(rt.alloc(), &accepted)?);
     Ok(())
 }
 
@@ -318,19 +352,23 @@ fn tries<'m>(alloc: Global, context: &'m Ctx, index: &'m Index, term: &Term) -> 
     Err(Fail::from("too many rules"))
 }
 
-#[test]
-fn rules_are_found_and_their_conditions_asked(rt: HostRuntime) -> Result<(), Fail> {
-    let alloc = rt.alloc();
-    let accepted = module(alloc, SOURCE)?;
+/// The tries at the term of a text.
+fn tries_at(alloc: Global, accepted: &Module, text: &str) -> Result<Tries, Fail> {
     let context = accepted.context();
     let index = Index::of(alloc, context)?;
+    let whole = term(alloc, accepted, text)?;
+    tries(alloc, context, &index, &whole)
+}
+
+#[test]
+fn rules_are_found_and_their_conditions_asked(rt: HostRuntime) -> Result<(), Fail> {
+    let accepted = module(rt.alloc(), SOURCE)?;
     for (text, wanted) in [
         ("f(a, b)", None),
         ("c", Some((1, 2, 1))),
         ("g(a, f(d, c), b)", Some((1, 2, 1))),
     ] {
-        let found = tries(alloc, context, &index, &term(alloc, &accepted, text)?)?;
-        assert_eq!(rt; found, wanted, "{text}");
+        assert_eq!(rt; tries_at(rt.alloc(), &accepted, text)?, wanted, "{text}");
     }
     Ok(())
 }

@@ -54,24 +54,36 @@ fn accept<'s>(
     }
 }
 
-/// The last module of a source, behind those of the prelude that every module has.
-pub fn module(alloc: Global, source: &str) -> Result<Module, Fail> {
+/// A source behind what it needs of the prelude.
+fn behind_prelude(alloc: Global, source: &str) -> Result<Vec<u8>, Fail> {
     let mut text = Mentioned::nothing().with(source.as_bytes()).prelude(alloc)?;
     text.extend_from_slice(source.as_bytes())?;
-    let tokens = lexed(alloc, text.as_slice())?;
+    Ok(text)
+}
+
+/// The modules that units are, in order. None of them may be at fault.
+fn modules_of(alloc: Global, tokens: &[Token]) -> Result<Vec<Module>, Fail> {
     let mut units = Units::new(alloc);
     let mut modules = Vec::new(alloc);
     let mut at = 0;
     while at < tokens.len() {
-        let (outcome, next) = read_unit(alloc, tokens.as_slice(), at, true)?;
+        let (outcome, next) = read_unit(alloc, tokens, at, true)?;
         match outcome {
             Ok(unit) => accept(alloc, &mut units, &mut modules, unit)?,
             Err(_) => return Err(Fail::from("no unit")),
         }
         at = next;
     }
+    Ok(modules)
+}
+
+/// The last module of a source, behind those of the prelude that it needs.
+pub fn module(alloc: Global, source: &str) -> Result<Box<Module>, Fail> {
+    let text = behind_prelude(alloc, source)?;
+    let tokens = lexed(alloc, text.as_slice())?;
+    let mut modules = modules_of(alloc, tokens.as_slice())?;
     match modules.pop() {
-        Some(module) => Ok(module),
+        Some(module) => Ok(Box::new(alloc, module)?),
         None => Err(Fail::from("no module")),
     }
 }

@@ -23,7 +23,7 @@ const BANK: &str = "mod BANK is pr NAT . pr QID . inc CONFIGURATION . subsort Qi
   var A : Oid . var C : Account . var W : AttributeSet . vars B N : Nat .
   crl [debit] : debit(A, N) < A : C | bal : B, W > => < A : C | bal : sd(B, N), W > if N <= B . endm";
 
-/// The rules have the numbers 12 to 15, behind the equations of BOOL. The condition of the third one fails.
+/// The rules have the numbers 12 to 15, behind the equations of BOOL. The condition of the third one always fails.
 const ELEMENTS: &str = "mod ELEMENTS is sort S . ops a b c d e : -> S .
   op __ : S S -> S [assoc comm config] . rl [r] : a b => c . rl [s] : c => a b .
   crl [t] : a => e if a = b . rl [u] : d d => e . endm";
@@ -34,7 +34,7 @@ const STEPS: u64 = 4500;
 const GRANT: u64 = 1000;
 
 /// A pool of a term's elements, with a bound of rules.
-fn opened<'m>(
+pub fn opened<'m>(
     alloc: Global,
     context: &'m Ctx,
     index: &'m Index,
@@ -156,35 +156,46 @@ fn is_row<'m>(
     accepted: &'m Module,
     index: &'m Index,
     text: &str,
-    (rules, wanted): (Option<u64>, &[Result<Became, ClaimError>]),
+    row: (Option<u64>, &[Result<Became, ClaimError>]),
 ) -> Result<bool, Fail>
     requires index { IsIndexOf accepted.now.module index.now }
 {
+    let (rules, wanted) = row;
     let context = accepted.context();
     let whole = term(alloc, accepted, text)?;
     let mut pool = opened(alloc, context, index, whole, rules)?;
     become_these(alloc, context, index, &mut pool, wanted)
 }
 
+/// The same with an index of its own.
+fn is_row_of(
+    alloc: Global,
+    accepted: &Module,
+    text: &str,
+    row: (Option<u64>, &[Result<Became, ClaimError>]),
+) -> Result<bool, Fail> {
+    let index = Index::of(alloc, accepted.context())?;
+    is_row(alloc, accepted, &index, text, row)
+}
+
 #[test]
 fn a_try_that_failed_is_not_claimed_again(rt: HostRuntime) -> Result<(), Fail> {
     let alloc = rt.alloc();
     let accepted = module(alloc, BANK)?;
-    let index = Index::of(alloc, accepted.context())?;
     let text = "< 'a : Account | bal : 2 > debit('a, 8)";
     let wanted = [Ok(Became::Failed), Err(ClaimError::Nothing)];
-    assert!(rt; is_row(alloc, &accepted, &index, text, (None, wanted.as_slice()))?);
+    assert!(rt; is_row_of(alloc, &accepted, text, (None, wanted.as_slice()))?);
     let wanted = [Err(ClaimError::Spent)];
-    assert!(rt; is_row(alloc, &accepted, &index, text, (Some(0), wanted.as_slice()))?);
+    assert!(rt; is_row_of(alloc, &accepted, text, (Some(0), wanted.as_slice()))?);
     let text = "< 'a : Account | bal : 20 > debit('a, 8) debit('a, 8)";
     let wanted = [
         Ok(Became::Rewritten),
         Ok(Became::Rewritten),
         Err(ClaimError::Nothing),
     ];
-    assert!(rt; is_row(alloc, &accepted, &index, text, (None, wanted.as_slice()))?);
+    assert!(rt; is_row_of(alloc, &accepted, text, (None, wanted.as_slice()))?);
     let wanted = [Ok(Became::Rewritten), Err(ClaimError::Spent)];
-    assert!(rt; is_row(alloc, &accepted, &index, text, (Some(1), wanted.as_slice()))?);
+    assert!(rt; is_row_of(alloc, &accepted, text, (Some(1), wanted.as_slice()))?);
     Ok(())
 }
 
@@ -220,11 +231,20 @@ fn side_by_side<'m>(
     Ok((claims.len(), pool.free().len(), why))
 }
 
+/// The same with an index of its own.
+fn side_by_side_in(
+    alloc: Global,
+    accepted: &Module,
+    text: &str,
+) -> Result<(usize, usize, ClaimError), Fail> {
+    let index = Index::of(alloc, accepted.context())?;
+    side_by_side(alloc, accepted, &index, text)
+}
+
 #[test]
 fn equal_elements_are_claimed_one_by_one(rt: HostRuntime) -> Result<(), Fail> {
     let alloc = rt.alloc();
     let accepted = module(alloc, ELEMENTS)?;
-    let index = Index::of(alloc, accepted.context())?;
     for (text, wanted) in [
         ("b b", (0, 2, ClaimError::Nothing)),
         ("b b d d", (1, 2, ClaimError::Nothing)),
@@ -234,7 +254,7 @@ fn equal_elements_are_claimed_one_by_one(rt: HostRuntime) -> Result<(), Fail> {
         ("c c c c c", (5, 0, ClaimError::Spent)),
         ("b c e e d d", (2, 3, ClaimError::Nothing)),
     ] {
-        let found = side_by_side(alloc, &accepted, &index, text)?;
+        let found = side_by_side_in(alloc, &accepted, text)?;
         assert_eq!(rt; found, wanted, "{text}");
     }
     Ok(())
@@ -248,10 +268,9 @@ const PAIRS: &str =
 fn two_pairs_are_two_claims(rt: HostRuntime) -> Result<(), Fail> {
     let alloc = rt.alloc();
     let accepted = module(alloc, PAIRS)?;
-    let index = Index::of(alloc, accepted.context())?;
-    let found = side_by_side(alloc, &accepted, &index, "a a b b")?;
+    let found = side_by_side_in(alloc, &accepted, "a a b b")?;
     assert_eq!(rt; found, (2, 0, ClaimError::Nothing));
-    let found = side_by_side(alloc, &accepted, &index, "a b a c b b")?;
+    let found = side_by_side_in(alloc, &accepted, "a b a c b b")?;
     assert_eq!(rt; found, (2, 2, ClaimError::Nothing));
     Ok(())
 }
@@ -286,11 +305,12 @@ fn refuses<'m>(
     alloc: Global,
     accepted: &'m Module,
     index: &'m Index,
-    (own, other): (&str, &str),
+    texts: (&str, &str),
     out: bool,
 ) -> Result<bool, Fail>
     requires index { IsIndexOf accepted.now.module index.now }
 {
+    let (own, other) = texts;
     let context = accepted.context();
     let own = term(alloc, accepted, own)?;
     let mut own = opened(alloc, context, index, own, None)?;
@@ -301,13 +321,23 @@ fn refuses<'m>(
     Ok(refused && held.is_some() == out)
 }
 
+/// The same with an index of its own.
+fn refuses_in(
+    alloc: Global,
+    accepted: &Module,
+    texts: (&str, &str),
+    out: bool,
+) -> Result<bool, Fail> {
+    let index = Index::of(alloc, accepted.context())?;
+    refuses(alloc, accepted, &index, texts, out)
+}
+
 #[test]
 fn claims_of_other_pools_are_refused(rt: HostRuntime) -> Result<(), Fail> {
     let alloc = rt.alloc();
     let accepted = module(alloc, PAIRS)?;
-    let index = Index::of(alloc, accepted.context())?;
-    assert!(rt; refuses(alloc, &accepted, &index, ("a a b b", "a a b b"), false)?);
-    assert!(rt; refuses(alloc, &accepted, &index, ("a a b b", "d d c"), true)?);
+    assert!(rt; refuses_in(alloc, &accepted, ("a a b b", "a a b b"), false)?);
+    assert!(rt; refuses_in(alloc, &accepted, ("a a b b", "d d c"), true)?);
     Ok(())
 }
 
@@ -358,8 +388,22 @@ impl Likeness {
         self.rules == 0 || self.steps == 0
     }
 
+    /// Nothing may be claimed, though rules and steps are left.
     fn is_exhausted(self) -> bool {
-        !self.allows(12) && !self.allows(13) && !self.allows(14)
+        !self.is_spent() && !self.allows(12) && !self.allows(13) && !self.allows(14)
+    }
+
+    /// How many steps a claim gets; none where the pool is spent.
+    fn grant(self) -> u64 {
+        if self.is_spent() {
+            0
+        } else {
+            self.steps.min(GRANT)
+        }
+    }
+
+    fn only_if(self, fits: bool) -> Option<Likeness> {
+        if fits { Some(self) } else { None }
     }
 
     fn claimed(self, rule: usize, granted: u64) -> Likeness {
@@ -435,115 +479,116 @@ fn claims<'m>(
 ) -> Result<Option<Likeness>, Fail> {
     match pool.claim(alloc) {
         Ok(claim) => {
-            let (rule, granted) = (claim.choice().by.number, claim.steps());
+            let rule = claim.choice().by.number;
+            let granted = claim.steps();
             held.push(claim)?;
-            let fits = before.allows(rule)
-                && !before.is_spent()
-                && granted == before.steps.min(GRANT);
-            Ok(if fits {
-                Some(before.claimed(rule, granted))
-            } else {
-                None
-            })
+            let fits = before.allows(rule) && granted == before.grant();
+            Ok(before.claimed(rule, granted).only_if(fits))
         }
-        Err(ClaimError::Spent) => Ok(if before.is_spent() {
-            Some(before)
-        } else {
-            None
-        }),
-        Err(ClaimError::Nothing) => {
-            let fits = !before.is_spent() && before.is_exhausted();
-            Ok(if fits { Some(before) } else { None })
-        }
+        Err(ClaimError::Spent) => Ok(before.only_if(before.is_spent())),
+        Err(ClaimError::Nothing) => Ok(before.only_if(before.is_exhausted())),
         Err(ClaimError::Memory) => Err(Fail::from("no memory")),
     }
+}
+
+/// A module and an index of it.
+#[derive(Clone, Copy)]
+struct Place<'m> {
+    context: &'m Ctx,
+    index: &'m Index,
 }
 
 /// A claim comes back with what comes of it; what the pool must be like then.
 fn returns<'m>(
     alloc: Global,
-    context: &'m Ctx,
-    index: &'m Index,
+    place: Place<'m>,
     pool: &mut Pool<'m>,
-    (claim, before): (Claim<'m>, Likeness),
+    claim: Claim<'m>,
+    before: Likeness,
 ) -> Result<Option<Likeness>, Fail>
-    requires index { IsIndexOf context.now index.now }
+    requires index { IsIndexOf place.context.now place.index.now }
 {
-    let (rule, granted) = (claim.choice().by.number, claim.steps());
-    let became = come_back(alloc, context, index, pool, claim)?;
+    let rule = claim.choice().by.number;
+    let granted = claim.steps();
+    let became = come_back(alloc, place.context, place.index, pool, claim)?;
     let fits = match became {
         Became::Rewritten => rule != 14,
         Became::Failed => rule == 14,
         _ => false,
     };
-    Ok(if fits {
-        Some(before.returned(rule, granted))
-    } else {
-        None
-    })
+    Ok(before.returned(rule, granted).only_if(fits))
 }
 
 /// A claim comes back as it is; what the pool must be like then.
 fn releases<'m>(pool: &mut Pool<'m>, claim: Claim<'m>, before: Likeness) -> Option<Likeness> {
-    let (rule, granted) = (claim.choice().by.number, claim.steps());
-    match pool.release(claim, Why::NoMemory) {
-        Ok(()) => Some(before.released(rule, granted)),
-        Err(_) => None,
-    }
+    let rule = claim.choice().by.number;
+    let granted = claim.steps();
+    let is_taken = pool.release(claim, Why::NoMemory).is_ok();
+    before.released(rule, granted).only_if(is_taken)
+}
+
+/// A number that was drawn, and what a pool is like.
+#[derive(Clone, Copy)]
+struct Turn {
+    drawn: u64,
+    likeness: Likeness,
 }
 
 /// One event, drawn by a number; what the pool must be like then, or none where it did something else.
 fn event<'m>(
     alloc: Global,
-    (context, index): (&'m Ctx, &'m Index),
+    place: Place<'m>,
     pool: &mut Pool<'m>,
     held: &mut Vec<Claim<'m>>,
-    (drawn, before): (u64, Likeness),
+    turn: Turn,
 ) -> Result<Option<Likeness>, Fail>
-    requires index { IsIndexOf context.now index.now }
+    requires index { IsIndexOf place.context.now place.index.now }
 {
+    let Turn { drawn, likeness } = turn;
     let count = held.len();
     if count == 0 || drawn % 5 < 2 {
-        return claims(alloc, pool, held, before);
+        return claims(alloc, pool, held, likeness);
     }
-    let at = (drawn / 5 % count as u64) as usize;
-    if at >= count {
-        return Err(Fail::from("no claim"));
-    }
+    let at = drawn as usize / 5 % count;
     let claim = held.swap_remove(at);
     if drawn % 5 == 4 {
-        return Ok(releases(pool, claim, before));
+        Ok(releases(pool, claim, likeness))
+    } else {
+        returns(alloc, place, pool, claim, likeness)
     }
-    returns(alloc, context, index, pool, (claim, before))
+}
+
+/// The claims that are held go back as they are.
+fn put_down<'m>(pool: &mut Pool<'m>, held: &mut Vec<Claim<'m>>) {
+    for _ in 0..9 {
+        let Some(claim) = held.pop() else {
+            return;
+        };
+        let _ = pool.release(claim, Why::NoMemory);
+    }
 }
 
 /// After how many of 200 events a pool is first another one than it must be; 200 where it never is.
 fn first_difference<'m>(
     alloc: Global,
-    (context, index): (&'m Ctx, &'m Index),
+    place: Place<'m>,
     pool: &mut Pool<'m>,
     kinds: &[Term],
-    (seed, start): (u64, Likeness),
+    turn: Turn,
 ) -> Result<u64, Fail>
-    requires index { IsIndexOf context.now index.now }
+    requires index { IsIndexOf place.context.now place.index.now }
 {
     let mut held = Vec::new(alloc);
-    let mut wanted = start;
-    let mut drawn = seed % 65537;
+    let mut turn = turn;
     for number in 0..200u64 {
-        drawn = (drawn * 75 + 74) % 65537;
-        let after = event(alloc, (context, index), pool, &mut held, (drawn, wanted))?;
-        match after {
-            Some(likeness) if is_like(pool, kinds, likeness) => wanted = likeness,
+        let drawn = (turn.drawn % 65537 * 75 + 74) % 65537;
+        turn.drawn = drawn;
+        match event(alloc, place, pool, &mut held, turn)? {
+            Some(likeness) if is_like(pool, kinds, likeness) => turn.likeness = likeness,
             _ => return Ok(number),
         }
     }
-    for _ in 0..9 {
-        let Some(claim) = held.pop() else {
-            return Ok(200);
-        };
-        let _ = releases(pool, claim, wanted);
-    }
+    put_down(pool, &mut held);
     Ok(200)
 }
 
@@ -567,6 +612,16 @@ const START: Likeness = Likeness {
     tried: false,
 };
 
+/// The three elements that rules take.
+fn three_kinds(alloc: Global, accepted: &Module) -> Result<Vec<Term>, Fail> {
+    let mut kinds = Vec::new(alloc);
+    for text in ["a", "b", "c"] {
+        kinds.push(term(alloc, accepted, text)?)?;
+    }
+    Ok(kinds)
+}
+
+/// Whether a pool is as it must be after 200 events that are drawn from a number on, and has a proof in the end.
 fn goes_through<'m>(
     alloc: Global,
     accepted: &'m Module,
@@ -577,29 +632,29 @@ fn goes_through<'m>(
 {
     let context = accepted.context();
     let whole = term(alloc, accepted, "a b a c b a b a c")?;
-    let kinds = vec![in alloc;
-        term(alloc, accepted, "a")?,
-        term(alloc, accepted, "b")?,
-        term(alloc, accepted, "c")?,
-    ]?;
+    let kinds = three_kinds(alloc, accepted)?;
     let mut pool = opened(alloc, context, index, copy(&whole)?, Some(START.rules))?;
-    let at = first_difference(
-        alloc,
-        (context, index),
-        &mut pool,
-        kinds.as_slice(),
-        (seed, START),
-    )?;
+    let turn = Turn {
+        drawn: seed,
+        likeness: START,
+    };
+    let place = Place { context, index };
+    let at = first_difference(alloc, place, &mut pool, kinds.as_slice(), turn)?;
     Ok(at == 200 && is_finished(alloc, pool, &whole))
+}
+
+/// The same with an index of its own.
+fn goes_through_from(alloc: Global, accepted: &Module, seed: u64) -> Result<bool, Fail> {
+    let index = Index::of(alloc, accepted.context())?;
+    goes_through(alloc, accepted, &index, seed)
 }
 
 #[test]
 fn random_events_keep_pools_alike(rt: HostRuntime) -> Result<(), Fail> {
     let alloc = rt.alloc();
     let accepted = module(alloc, ELEMENTS)?;
-    let index = Index::of(alloc, accepted.context())?;
     for seed in [1, 2, 3, 20261202] {
-        assert!(rt; goes_through(alloc, &accepted, &index, seed)?, "{seed}");
+        assert!(rt; goes_through_from(alloc, &accepted, seed)?, "{seed}");
     }
     Ok(())
 }

@@ -42,7 +42,7 @@ endproof
 const USAGE: &str = "usage: mw run, mw check, mw gen\n";
 
 /// Words behind the program's name, parted by single spaces.
-fn words(alloc: Global, line: &str) -> Result<Vec<String>, AllocError> {
+pub fn words(alloc: Global, line: &str) -> Result<Vec<String>, AllocError> {
     let mut words = Vec::new(alloc);
     for word in line.split(' ') {
         words.push(String::from_str(alloc, word)?)?;

@@ -3,7 +3,7 @@ use Rattle.mw_module.specs.declared.faults.Fault.{Fault}
 use Rattle.mw_module.specs.declared.units.Unit.{Unit as SourceUnit}
 use Rattle.mw_module.specs.Units.{Reads, seen_outcome, seen_unit}
 use Rattle.mw_module.proofs.Sources.{units_are_known}
-use Rattle.mw_tests.proofs.engine.module.Goals as goal
+use Rattle.mw_tests.proofs.engine.modules_of.Goals as goal
 
 pub accept-requires-clause-known : goal.accept-requires-clause-known
 accept-requires-clause-known c =
