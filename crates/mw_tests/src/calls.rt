@@ -161,6 +161,7 @@ fn rests_beside<'m>(
 }
 
 /// What is put under an operator: a whole, and its two arguments.
+#[derive(Drop)]
 struct Under {
     whole: Term,
     first: Term,
