@@ -54,9 +54,13 @@ fn accept<'s>(
     }
 }
 
-/// A source behind what it needs of the prelude.
+/// A source behind what it needs of the prelude, by the words in it.
 fn behind_prelude(alloc: Global, source: &str) -> Result<Vec<u8>, Fail> {
-    let mut text = Mentioned::nothing().with(source.as_bytes()).prelude(alloc)?;
+    let mut mentioned = Mentioned::nothing();
+    for word in source.split(' ') {
+        mentioned = mentioned.with(word.as_bytes());
+    }
+    let mut text = mentioned.prelude(alloc)?;
     text.extend_from_slice(source.as_bytes())?;
     Ok(text)
 }

@@ -42,7 +42,7 @@ struct Seen {
     receipts: u64,
 }
 
-fn seen<R: Threads + Wait + Sync>(rt: &R, alloc: Global) -> Result<Seen, Fail> {
+fn told_of_two<R: Threads + Wait + Sync>(rt: &R, alloc: Global) -> Result<Seen, Fail> {
     let words = words(alloc, "mw run --workers 2")?;
     let gate = MeetGate::new(100_000_000);
     let mut source = MemSource::new(SOURCE.as_bytes().to_vec(alloc)?, 1000, Vec::new(alloc));
@@ -64,7 +64,7 @@ fn two_workers_meet(rt: HostRuntime) -> Result<(), Fail> {
         met: true,
         receipts: 4,
     };
-    assert_eq!(rt; seen(&rt, rt.alloc())?, wanted);
+    assert_eq!(rt; told_of_two(&rt, rt.alloc())?, wanted);
     Ok(())
 }
 
